@@ -1,10 +1,10 @@
-//! A host whose heap runs full: its thread is told so only once a full cycle has run.
+//! A host whose heap runs full: its thread is told so only once a full cycle has run. Who watches is told of each cycle.
 
 use std::alloc::Global;
 use std::marker::Sync;
 use std::sync::Wait;
 use std::thread::Threads;
-use tide::{Host, Paths, Sizes, Src, Stats, Stop, Thread};
+use tide::{Host, Paths, Report, Sizes, Src, Stats, Stop, Thread};
 
 /// Makes so many cells, each with a reference of the one before, and keeps the last one in register 0.
 fn chain<R: Wait>(rt: &R, thread: &mut Thread<'_, '_>, cells: u32) -> Result<(), Stop> {
@@ -43,21 +43,53 @@ fn sizes() -> Sizes {
     }
 }
 
-/// A thread makes so many cells and goes on. How the first ones ended, and what the keeper counted.
-fn run<R: Threads + Wait + Sync>(
-    rt: &R,
-    alloc: Global,
-    cells: u32,
-) -> Option<(Result<(), Stop>, Stats)> {
+/// How a run went: how a thread's first cells ended, the run's numbers, and what was told behind each part.
+#[derive(Clone, Copy)]
+struct Went {
+    filled: Result<(), Stop>,
+    stats: Stats,
+    told: u32,
+    freed: u32,
+}
+
+/// A thread makes so many cells and goes on.
+fn run<R: Threads + Wait + Sync>(rt: &R, alloc: Global, cells: u32) -> Option<Went> {
     let Ok(host) = Host::open(alloc, sizes(), &Paths::new(alloc)) else {
         return None;
     };
     let play = |thread: &mut Thread<'_, '_>| fill(rt, thread, cells);
-    let Ok(ran) = host.run(rt, alloc, &play) else {
+    let (mut told, mut freed) = (0u32, 0u32);
+    let watch = |report: &Report| {
+        told = told.saturating_add(1);
+        for line in report.cycles() {
+            freed = freed.saturating_add(line.freed);
+        }
+    };
+    let Ok((ran, _)) = host.run_and_watch(rt, alloc, &play, watch) else {
         return None;
     };
-    let ended = *ran.answers.first()?;
-    Some((ended, ran.stats))
+    Some(Went {
+        filled: *ran.answers.first()?,
+        stats: ran.stats,
+        told,
+        freed,
+    })
+}
+
+/// Whether so many parts were told of, with so many births: each ended with a full cycle, no cell is left of the one
+/// block, and all that was freed was told.
+fn has_told(went: &Went, parts: u32, born: u64) -> bool {
+    let all = (u64::from(parts), u64::from(parts), 0, born, 128);
+    let stats = &went.stats;
+    (went.told, went.freed) == (parts, 128)
+        && (
+            stats.parts,
+            stats.full_cycles,
+            stats.eden_cycles,
+            stats.born,
+            stats.freed,
+        ) == all
+        && (stats.live, stats.free) == ([0; 5], [64, 0, 0, 0, 0])
 }
 
 /// A thread fills the heap, and fills it again once it has let all go: a cycle runs between, and one when it has left.
@@ -66,9 +98,9 @@ pub fn full_is_told_behind_a_cycle<R: Threads + Wait + Sync>(
     rt: &R,
     alloc: Global,
 ) -> Option<bool> {
-    let (filled, stats) = run(rt, alloc, 64)?;
-    let is_filled = filled == Ok(()) && (stats.parts, stats.cycles, stats.freed) == (2, 2, 128);
-    let (refused, stats) = run(rt, alloc, 65)?;
-    let is_refused = refused == Err(Stop::Full { class: 0 });
-    Some(is_filled && is_refused && (stats.parts, stats.cycles, stats.freed) == (3, 3, 128))
+    let filled = run(rt, alloc, 64)?;
+    let is_filled = filled.filled == Ok(()) && has_told(&filled, 2, 128);
+    let refused = run(rt, alloc, 65)?;
+    let is_refused = refused.filled == Err(Stop::Full { class: 0 });
+    Some(is_filled && is_refused && has_told(&refused, 3, 128))
 }

@@ -13,6 +13,7 @@ pub mod Refusals
 pub mod Replies
 pub mod Retrying
 pub mod Seats
+pub mod Watching
 pub use Rattle.tide_server.proofs.tide_model
 pub use Rattle.tide_server.proofs.tide_heap.tide_core
 pub use Rattle.tide_server.proofs.tide_table

@@ -9,6 +9,8 @@ pub mod Registers
 pub mod Sizes
 pub mod Stacks
 pub mod Threads
+pub mod Told
+pub mod Watched
 pub use Rattle.tide_server.specs.tide_model
 pub use Rattle.tide_server.specs.tide_shape
 pub use Rattle.tide_server.specs.tide_sched

@@ -1,9 +1,13 @@
 //! `Host`: a heap that was opened for a runtime, and its run.
 ghost use Rattle.std.specs.Prelude.{◌≡◌, Bool, Err, IfOk, IsOkUnless, List, None, Some, false, length};
+ghost use Rattle.tide.specs.Counted.{Counts};
 ghost use Rattle.tide.specs.Hosts.{AreReady};
 ghost use Rattle.tide.specs.Sizes.{AreWithin, layout_of, pace_of_sizes, refusal_of};
+ghost use Rattle.tide.specs.Told.{TellsRun};
 ghost use Rattle.tide.specs.declared.sizes.Refused.{Refused};
 ghost use Rattle.tide.specs.declared.sizes.Refused.TheVariants as refused;
+ghost use Rattle.tide_server.specs.Keepers.{view_of};
+ghost use Rattle.tide_server.specs.Turned.{IsFinished};
 ghost use Rattle.tide_server.specs.tide_model.Periods.{IsLegal, open_count};
 ghost use Rattle.tide_server.specs.tide_posts.Schedule.{IsLegalWhere, have_stops};
 ghost use Rattle.tide_server.specs.tide_report.Ends.{ends_in};
@@ -17,13 +21,15 @@ use crate::playing::run_all;
 use crate::roots::Roots;
 use crate::shapes::shapes_for;
 use crate::sizes::{Refused, Sizes};
-use crate::stats::Stats;
+use crate::stats::{Stats, Tally};
 use crate::thread::Thread;
 use std::alloc::Global;
 use std::marker::Sync;
 use std::sync::Wait;
 use std::thread::Threads;
-use tide_server::{Beds, Closed, Memory, Opened, Paths, Report, Shapes, Start, open};
+use tide_server::{
+    Beds, Closed, Keeper, Memory, Opened, Paths, Report, Shapes, Standing, Start, open,
+};
 
 /// A heap that was opened for a runtime.
 #[derive(Drop)]
@@ -59,9 +65,25 @@ fn open_with(alloc: Global, sizes: &Sizes, shapes: Shapes) -> Result<Opened<Shap
     Ok(opened)
 }
 
+/// The numbers of a run whose last turn answered that it is over.
+fn sum_up(standing: &Standing<Shapes>, keeper: &mut Keeper, tally: Tally) -> Stats
+    requires finished { IsFinished standing.now.heap.key.layout (lists_of standing.now.heap.key.shapes)
+        standing.now.heap.table.shared.table_id keeper.old }
+    requires counted { Counts tally (open_count (view_of keeper.old).seen)
+        (ends_in standing.now.heap.key.layout (view_of keeper.old).seen) }
+    ensures finished { IsFinished standing.now.heap.key.layout (lists_of standing.now.heap.key.shapes)
+        standing.now.heap.table.shared.table_id keeper.new }
+    ensures same { (view_of keeper.new ≡ view_of keeper.old) × (keeper.new.books ≡ keeper.old.books)
+        × (keeper.new.stopped ≡ keeper.old.stopped) }
+    ensures told { TellsRun standing.now.heap.key.layout (view_of keeper.old).seen result }
+{
+    let live = keeper.live_cells(standing);
+    Stats::gather(standing.layout(), tally, keeper.sums(), live)
+}
+
 impl Host {
-    ghost use Rattle.tide.specs.Counted.{Counts};
     ghost use Rattle.tide.specs.Hosts.{AreAnswers, HostStands, beginning_of, stack_in, stack_of_sizes};
+    ghost use Rattle.tide.specs.Watched.{WasTold};
 
     /// Opens a heap of these sizes, which has no cell in it. A cell gets its keys in the order of one of the paths.
     pub fn open(alloc: Global, sizes: Sizes, paths: &Paths) -> Result<Host, Refused>
@@ -102,13 +124,47 @@ impl Host {
         ensures legal { IfOk result (λ ran. ran.has_stopped ≡ false → IsLegal
             (pace_of self.opened.keeper.books.pacing) self.opened.standing.heap.key.layout
             (lists_of self.opened.standing.heap.key.shapes) ran.closed.seat.me.0.seen) }
-        ensures counts { IfOk result (λ ran. Counts ran.stats (open_count ran.closed.seat.me.0.seen)
-            (ends_in self.opened.standing.heap.key.layout ran.closed.seat.me.0.seen)) }
+        ensures told { IfOk result (λ ran. TellsRun self.opened.standing.heap.key.layout ran.closed.seat.me.0.seen
+            ran.stats) }
         ensures all { IfOk result (λ ran. length ran.answers.items
             ≡ self.opened.standing.heap.key.layout.mutators) }
         ensures answers { IfOk result (λ ran. AreAnswers F.Fn f.now (beginning_of
             self.opened.standing.heap.key.layout self.opened.standing.heap.table.shared.table_id self.roots) 0
             ran.answers.items) }
+    {
+        let (ran, _) = self.run_and_watch(rt, alloc, f, |_: &Report| {})?;
+        Ok(ran)
+    }
+
+    /// A run as `run` makes it, with somebody who watches: behind each turn the keeper calls `watch` with a report of
+    /// the cycles that ended in it, of which there may be none. Answers who watched too, as the last call left it. The
+    /// next part is open by then, and `watch` holds up the freeze behind that. It makes no call of the heap.
+    pub fn run_and_watch<
+        R: Threads + Wait + Sync,
+        T: Send + Drop,
+        F: Fn(&mut Thread<'_, '_>) -> T + Sync,
+        W: FnMut(&Report) + Send + Drop,
+    >(self, rt: &R, alloc: Global, f: &F, watch: W) -> Result<(Ran<T>, W), Memory>
+        requires stands { HostStands self }
+        requires calls { F.IsAlwaysCallable f.now }
+        requires watches { W.IsAlwaysCallable watch }
+        ensures heap { IfOk result (λ out. out.0.closed.key ≡ self.opened.standing.heap.key) }
+        ensures where_early { IfOk result (λ out. (stops : List (List Bool))
+            × (out.0.has_stopped ≡ have_stops self.opened.standing.heap.key.layout stops)
+            × IsLegalWhere (pace_of self.opened.keeper.books.pacing) self.opened.standing.heap.key.layout
+            (lists_of self.opened.standing.heap.key.shapes) stops out.0.closed.seat.me.0.seen) }
+        ensures legal { IfOk result (λ out. out.0.has_stopped ≡ false → IsLegal
+            (pace_of self.opened.keeper.books.pacing) self.opened.standing.heap.key.layout
+            (lists_of self.opened.standing.heap.key.shapes) out.0.closed.seat.me.0.seen) }
+        ensures told { IfOk result (λ out. TellsRun self.opened.standing.heap.key.layout out.0.closed.seat.me.0.seen
+            out.0.stats) }
+        ensures all { IfOk result (λ out. length out.0.answers.items
+            ≡ self.opened.standing.heap.key.layout.mutators) }
+        ensures answers { IfOk result (λ out. AreAnswers F.Fn f.now (beginning_of
+            self.opened.standing.heap.key.layout self.opened.standing.heap.table.shared.table_id self.roots) 0
+            out.0.answers.items) }
+        ensures watched { IfOk result (λ out. WasTold W.FnMut self.opened.standing.heap.key.layout
+            out.0.closed.seat.me.0.seen watch out.1) }
     {
         let Host { opened, roots } = self;
         let Opened {
@@ -123,15 +179,20 @@ impl Host {
         let answers = Vec::with_capacity(alloc, members.len())?;
         let jobs = jobs_for(alloc, members)?;
         let (kept, played) = run_all(
-            rt, &standing, &beds, roots, keeper, report, jobs, helpers, f,
+            rt, &standing, &beds, roots, keeper, report, jobs, helpers, f, watch,
         );
         drop(beds);
-        let Kept { keeper, stats } = kept;
-        Ok(Ran {
+        let Kept {
+            mut keeper,
+            tally,
+            watch,
+        } = kept;
+        let ran = Ran {
             answers: answers_of(answers, played),
-            stats,
+            stats: sum_up(&standing, &mut keeper, tally),
             has_stopped: keeper.has_stopped(),
             closed: keeper.finish(standing),
-        })
+        };
+        Ok((ran, watch))
     }
 }

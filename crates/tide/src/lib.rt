@@ -49,10 +49,10 @@ pub use tide_grow_shape::{
     GrowHook, GrowRefused, GrowShapes, Grower, Settled, growers_agree, settle,
 };
 pub use tide_server::{
-    Beds, Books, Closed, Collector, Drained, Failed, FreePass, Frozen, GreyList, Heap, HeapShapes,
-    Helper, Keeper, Keys, Layout, MAX_KEY_BYTES, MAX_KEYS, MemSink, Member, Memory, Mutator,
-    NotOpened, Note, Numbers, Offered, Op, Opened, Pacing, Pass, Paths, PeriodsSpent, Place,
-    RealSink, Refusal, Reply, Report, Resting, ShapeTable, Shapes, Sink, Snapshot, Standing, Start,
-    Ticket, Turn, Turnstile, Val, Visitor, Woken, Worked, fits, is_key, open, take_snapshot,
+    Beds, Books, Closed, Collector, CycleSums, Drained, Failed, FreePass, Frozen, GreyList, Heap,
+    HeapShapes, Helper, Keeper, Keys, Layout, MAX_KEY_BYTES, MAX_KEYS, MemSink, Member, Memory,
+    Mutator, NotOpened, Note, Numbers, Offered, Op, Opened, Pacing, Pass, Paths, PeriodsSpent,
+    Place, RealSink, Refusal, Reply, Report, Resting, ShapeTable, Shapes, Sink, Snapshot, Standing,
+    Start, Ticket, Turn, Turnstile, Val, Visitor, Woken, Worked, fits, is_key, open, take_snapshot,
 };
 pub use tide_weakref::{Range16, Realm, WeakRefused};

@@ -2,6 +2,7 @@
 ghost use Rattle.std.specs.Prelude.{◌≡◌, ◌+◌, All, [], length};
 ghost use Rattle.std.specs.List.{AllZip};
 ghost use Rattle.tide.specs.Counted.{HasCounted};
+ghost use Rattle.tide.specs.Watched.{HasWatched};
 ghost use Rattle.tide.specs.Hosts.{HasActed, HasAnswered, HasMember, HaveActed, IsNewMember, beginning_of};
 ghost use Rattle.tide_server.specs.Helpers.{IsHelperOf};
 ghost use Rattle.tide_server.specs.Keepers.{KeeperStands, view_of};
@@ -131,17 +132,20 @@ fn play_all<
     T: Send + Drop,
     A: Fn(&Keeper) + Sync,
     P: Fn(Member) -> T + Sync,
+    W: FnMut(&Report) + Send + Drop,
 >(
     rt: &R,
     standing: &Standing<Shapes>,
     attend: &A,
     act: &P,
+    watch: W,
     keeper: Keeper,
     report: Report,
     jobs: Vec<Job<T>>,
     helpers: Vec<Helper>,
-) -> (Kept, Vec<Job<T>>)
+) -> (Kept<W>, Vec<Job<T>>)
     requires rounds { A.IsAlwaysCallable attend.now }
+    requires watches { W.IsAlwaysCallable watch }
     requires stands { KeeperStands standing.now.heap.key.layout standing.now.heap.table.shared.table_id
         standing.now.hands.shared.table_id keeper }
     requires may { All (HasMember (P.pre act.now)) jobs.items }
@@ -152,13 +156,16 @@ fn play_all<
         standing.now.heap.table.shared.table_id result.0.keeper }
     ensures pacing { result.0.keeper.books.pacing ≡ keeper.books.pacing }
     ensures counted { HasCounted standing.now.heap.key.layout (view_of keeper).start (view_of result.0.keeper).seen
-        (view_of keeper).period (open_count (view_of result.0.keeper).seen + 1) result.0.stats }
+        (view_of keeper).period (open_count (view_of result.0.keeper).seen + 1) result.0.tally }
+    ensures watched { HasWatched W.FnMut standing.now.heap.key.layout (view_of keeper).start
+        (view_of result.0.keeper).seen (view_of keeper).period (open_count (view_of result.0.keeper).seen + 1) watch
+        result.0.watch }
     ensures acted { AllZip (HasActed (P.post act.now)) jobs.items result.1.items }
 {
     join(
         rt,
-        || -> Kept
-            requires { A.IsAlwaysCallable attend.now
+        || -> Kept<W>
+            requires { A.IsAlwaysCallable attend.now × W.IsAlwaysCallable watch
                 × KeeperStands standing.now.heap.key.layout standing.now.heap.table.shared.table_id
                 standing.now.hands.shared.table_id keeper
                 × (report.cycles ≡ []) }
@@ -168,8 +175,11 @@ fn play_all<
             ensures pacing { result.keeper.books.pacing ≡ keeper.books.pacing }
             ensures counted { HasCounted standing.entry.now.heap.key.layout (view_of keeper).start
                 (view_of result.keeper).seen (view_of keeper).period
-                (open_count (view_of result.keeper).seen + 1) result.stats }
-        { keep(rt, standing, attend, keeper, report) },
+                (open_count (view_of result.keeper).seen + 1) result.tally }
+            ensures watched { HasWatched W.FnMut standing.entry.now.heap.key.layout (view_of keeper).start
+                (view_of result.keeper).seen (view_of keeper).period
+                (open_count (view_of result.keeper).seen + 1) watch result.watch }
+        { keep(rt, standing, attend, watch, keeper, report) },
         || -> Vec<Job<T>>
             requires { All (HasMember (P.pre act.now)) jobs.items
                 × All (IsHelperOf standing.now.heap.key.layout standing.now.heap.table.shared.table_id
@@ -185,6 +195,7 @@ pub(crate) fn run_all<
     R: Threads + Wait + Sync,
     T: Send + Drop,
     F: Fn(&mut Thread<'_, '_>) -> T + Sync,
+    W: FnMut(&Report) + Send + Drop,
 >(
     rt: &R,
     standing: &'h Standing<Shapes>,
@@ -195,7 +206,8 @@ pub(crate) fn run_all<
     jobs: Vec<Job<T>>,
     helpers: Vec<Helper>,
     f: &F,
-) -> (Kept, Vec<Job<T>>)
+    watch: W,
+) -> (Kept<W>, Vec<Job<T>>)
     requires stands { KeeperStands standing.now.heap.key.layout standing.now.heap.table.shared.table_id
         standing.now.hands.shared.table_id keeper }
     requires may { All (HasMember (IsNewMember standing.now.heap.key.layout standing.now.heap.table.shared.table_id
@@ -204,11 +216,15 @@ pub(crate) fn run_all<
         standing.now.hands.shared.table_id) helpers.items }
     requires empty { report.cycles ≡ [] }
     requires calls { F.IsAlwaysCallable f.now }
+    requires watches { W.IsAlwaysCallable watch }
     ensures finished { IsFinished standing.now.heap.key.layout (lists_of standing.now.heap.key.shapes)
         standing.now.heap.table.shared.table_id result.0.keeper }
     ensures pacing { result.0.keeper.books.pacing ≡ keeper.books.pacing }
     ensures counted { HasCounted standing.now.heap.key.layout (view_of keeper).start (view_of result.0.keeper).seen
-        (view_of keeper).period (open_count (view_of result.0.keeper).seen + 1) result.0.stats }
+        (view_of keeper).period (open_count (view_of result.0.keeper).seen + 1) result.0.tally }
+    ensures watched { HasWatched W.FnMut standing.now.heap.key.layout (view_of keeper).start
+        (view_of result.0.keeper).seen (view_of keeper).period (open_count (view_of result.0.keeper).seen + 1) watch
+        result.0.watch }
     ensures acted { AllZip (HasActed (λ member. HasAnswered F.Fn f.now (beginning_of standing.now.heap.key.layout
         standing.now.heap.table.shared.table_id roots) (calls.view_of member.mutator).who)) jobs.items
         result.1.items }
@@ -220,5 +236,7 @@ pub(crate) fn run_all<
         ensures { HasAnswered F.Fn f.entry.now (beginning_of standing.entry.now.heap.key.layout
             standing.entry.now.heap.table.shared.table_id roots) (calls.view_of member.mutator).who result }
     { play(rt, standing, beds, roots, member, f) };
-    play_all(rt, standing, &attend, &act, keeper, report, jobs, helpers)
+    play_all(
+        rt, standing, &attend, &act, watch, keeper, report, jobs, helpers,
+    )
 }

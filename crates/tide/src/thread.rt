@@ -111,8 +111,8 @@ impl<'b, 'h> Thread<'b, 'h> {
         Ok(reply)
     }
 
-    /// Makes a call that is to be done.
-    pub(crate) fn done<R: Wait>(&mut self, rt: &R, op: Op) -> Result<(), Stop>
+    /// Makes a call that is to be done: any refusal of it is an error.
+    pub fn done<R: Wait>(&mut self, rt: &R, op: Op) -> Result<(), Stop>
         ensures done { HasDone (calling_of self.old) (calling_of self.new) op result }
         ensures stack { stack_of self.new ≡ stack_of self.old }
     {

@@ -30,8 +30,9 @@ impl<'b, 'h> Thread<'b, 'h> {
         }
     }
 
-    /// A register that holds this value: the one for operands, where none is named.
-    pub(crate) fn register_of<R: Wait>(&mut self, rt: &R, val: Src) -> Result<u8, Stop>
+    /// A register that holds this value: the one for operands, into which it is put, where the value names none. The
+    /// next call may put something else there.
+    pub fn register_of<R: Wait>(&mut self, rt: &R, val: Src) -> Result<u8, Stop>
         ensures brought { HasBrought (calling_of self.old) (calling_of self.new) (base_of self.old) val result }
         ensures stack { stack_of self.new ≡ stack_of self.old }
     {

@@ -8,6 +8,7 @@ use Rattle.tide_model.specs.Layout.{Layout}
 use Rattle.tide_model.specs.Numbers.{any_below, count_where}
 use Rattle.tide_model.specs.Refused.{ShapeLists}
 use Rattle.tide_model.specs.declared.entry.Entry.TheVariants.{Open}
+use Rattle.tide_model.specs.declared.entry.Event.{Event}
 use Rattle.tide_posts.specs.Name.{places}
 use Rattle.tide_posts.specs.Among.{Among, times}
 use Rattle.tide_posts.specs.Schedule.{no_period}
@@ -21,6 +22,8 @@ use Rattle.tide_server.specs.Keepers.{AreLeft, HasNoEnd, IsKeeperOf, KeeperStand
 use Rattle.tide_server.specs.declared.keeper.Keeper.{Keeper}
 use Rattle.tide_table.proofs.Nexts.{HasOpenedNext-first}
 use Rattle.tide_table.specs.Started.{IsStarted}
+use Rattle.tide_table.proofs.tide_statistics.SumLaws.{HasSummed-opened}
+use Rattle.tide_table.specs.tide_statistics.Sums.{HasSummed}
 
 or_true : (b : Bool) → (b || true) ≡ true
 or_true true = refl
@@ -79,10 +82,12 @@ module _ (layout : Layout) (shapes : ShapeLists) (heap hands : TableId) (k : Kee
       ((place : ℕ) → has_left layout k.left place ≡ true → Among place k.seat.seat.me.0.free) →
       ((place : ℕ) → place < places layout →
       times place k.seat.seat.me.0.tickets ≡ (if has_left layout k.left place then 0 else 1)) →
-      k.seat.seat.me.0.notes ≡ [] → HasNoEnd k → KeeperStands layout heap hands k
-  KeeperStands-first many are of next ended left early stopped due tickets notes no_end =
+      k.seat.seat.me.0.notes ≡ [] → HasNoEnd k → HasSummed [] k.sums → KeeperStands layout heap hands k
+  KeeperStands-first many are of next ended left early stopped due tickets notes no_end summed =
       KeeperStands-opened layout heap hands k [] [] of
-      (HasOpenedNext-first layout shapes run k.books start (view_of k) started is are).runs no_period
+      (HasOpenedNext-first layout shapes run k.books start (view_of k) started is are).runs
+      (subst (λ (h : List Event). HasSummed h k.sums) (sym opens) (HasSummed-opened [] (start.period + 1) run k.sums summed))
+      no_period
       stopped (λ who. ap (λ (l : List Bool). get_or l who false) early ∙ none_left 16 who)
       (ap not (any_true layout.mutators many))
       (ap (λ (v : View). v.start) is ∙ (λ i. started.seen i ++ plain (Open (started.period i + 1) run) ∷ []))
@@ -93,5 +98,8 @@ module _ (layout : Layout) (shapes : ShapeLists) (heap hands : TableId) (k : Kee
       (λ place below isnt. tickets place below ∙ ap {B = ℕ} (λ (b : Bool). if b then 0 else 1) isnt ∙ sym first)
       (λ place below isnt. ap (λ (l : List ℕ). times place l + 1) notes ∙ sym first) no_end
     where
+      opens : (view_of k).start ≡ plain (Open (start.period + 1) run) ∷ []
+      opens = ap (λ (v : View). v.start) is ∙ (λ i. started.seen i ++ plain (Open (start.period + 1) run) ∷ [])
+
       first : (view_of k).period ≡ 1
       first = ap (λ (v : View). v.period) is ∙ ap (λ (n : ℕ). n + 1) started.period

@@ -50,6 +50,9 @@ use Rattle.tide_table.proofs.Nexts.{AddsEnds-next, HasOpenedNext-by}
 use Rattle.tide_table.proofs.Standing.{marks_still, no_ends, no_opens}
 use Rattle.tide_table.proofs.VisitsTold.{HasTold, HasTold-nothing}
 use Rattle.tide_table.specs.Standing.{HasOpenedNext, RunsWith, StandsStill}
+use Rattle.tide_table.proofs.tide_statistics.SumLaws.{HasSummed-opened}
+use Rattle.tide_table.specs.tide_statistics.Sums.{HasSummed}
+use Rattle.tide_table.specs.tide_statistics.declared.sums.CycleSums.{CycleSums}
 
 -- an opening begins no cycle and ends none
 marks_after-opened : (layout : Layout) (run : ℕ) (v : View) →
@@ -94,7 +97,7 @@ NotesAreIn-none layout v early none done nobody =
 
 -- A keeper stands right after an opening, if it has no note in yet, and if who has left isn't active.
 pub KeeperStands-opened : (layout : Layout) (heap hands : TableId) (k : Keeper) (stops : List (List Bool)) (before : List Event) →
-    IsKeeperOf layout heap hands k → RunsWith layout k.books (view_of k) →
+    IsKeeperOf layout heap hands k → RunsWith layout k.books (view_of k) → HasSummed (view_of k).start k.sums →
     ArePeriodsWhere (pace_of k.books.pacing) layout stops before → k.stopped ≡ have_stops layout stops →
     ((who : ℕ) → get_or k.early who false ≡ false) →
     is_over layout before ≡ false → (view_of k).start ≡ opened_history (pace_of k.books.pacing) layout before →
@@ -105,9 +108,10 @@ pub KeeperStands-opened : (layout : Layout) (heap hands : TableId) (k : Keeper) 
     times place k.seat.seat.me.0.tickets ≡ (view_of k).period) →
     ((place : ℕ) → place < places layout → has_left layout k.left place ≡ false →
     times place k.seat.seat.me.0.notes + 1 ≡ (view_of k).period) → HasNoEnd k → KeeperStands layout heap hands k
-KeeperStands-opened layout heap hands k stops before of runs periods stopped nobody goes_on is marking none done next ended left due rounds noted no_end = record {
+KeeperStands-opened layout heap hands k stops before of runs summed periods stopped nobody goes_on is marking none done next ended left due rounds noted no_end = record {
   of = of;
   runs = runs;
+  summed = summed;
   before = before;
   stops = stops;
   periods = periods;
@@ -237,17 +241,24 @@ module _ (layout : Layout) (shapes : ShapeLists) (heap hands : TableId) (k : Kee
   AddsEnds-frozen = AddsEnds-then layout v.start u.seen w.seen report report longer
       (AddsEnds-same layout v.start u.seen report report ends_is refl refl) did.told
 
+  -- its sums are those of the history
+  summed_now : (final : Keeper) → view_of final ≡ w → final.sums ≡ new.sums → HasSummed (view_of final).seen final.sums
+  summed_now final same sums =
+      subst (λ (x : View × CycleSums). HasSummed x.0.seen x.1) (λ i. (sym same i, sym sums i)) did.summed
+
   -- where all have left the history is finished
   pub HasFinished-frozen : (final : Keeper) → view_of final ≡ w → final.books.pacing ≡ k.books.pacing →
-      final.stopped ≡ k.stopped → final.collector.seat.table_id ≡ heap → MakesPeriod layout shapes k k.stopped w.seen →
+      final.sums ≡ new.sums → final.stopped ≡ k.stopped → final.collector.seat.table_id ≡ heap → MakesPeriod layout shapes k k.stopped w.seen →
       any_below (λ who. not (get_or k.left who false)) layout.mutators ≡ false → HasPostedEnds layout k final →
       HasFinished layout shapes heap k final report longer
-  HasFinished-frozen final same pacing stopped table makes over posted = record {
+  HasFinished-frozen final same pacing sums stopped table makes over posted = record {
     grows = subst (IsPrefix v.start) (sym seen_now) begun_is;
     parts = ap open_count seen_now ∙ sym did.collected.still.period ∙ period_is;
     finished = record {
       table = table;
       frozen = ap (λ (x : View). x.frozen) same ∙ did.collected.still.frozen;
+      still = subst (StandsStill layout shapes) (sym same) did.collected.still;
+      summed = summed_now final same sums;
       gone = λ i below. subst (In i) (sym (ap (λ (x : View). x.gone) same ∙ gone_is))
           ((stands.left.known i below).0 (left_all i below));
       stops = makes.stops;
@@ -276,15 +287,16 @@ module _ (layout : Layout) (shapes : ShapeLists) (heap hands : TableId) (k : Kee
           of_not false e = absurd (cc)
 
   -- where the number of the part was the last one none is opened
-  pub HasSpentParts-frozen : (final : Keeper) → view_of final ≡ w → final.stopped ≡ k.stopped →
+  pub HasSpentParts-frozen : (final : Keeper) → view_of final ≡ w → final.sums ≡ new.sums → final.stopped ≡ k.stopped →
       MakesPeriod layout shapes k k.stopped w.seen →
       any_below (λ who. not (get_or k.left who false)) layout.mutators ≡ true → w.period ≡ 2 ^ 32 - 1 →
       HasPostedEnds layout k final → HasSpentParts layout shapes k final report longer
-  HasSpentParts-frozen final same stopped makes goes_on last posted = record {
+  HasSpentParts-frozen final same sums stopped makes goes_on last posted = record {
     makes = subst (λ (b : Bool). MakesPeriod layout shapes k b (view_of final).seen) (sym stopped)
         (subst (MakesPeriod layout shapes k k.stopped) (sym seen_now) makes);
     goes_on = ap (is_over layout) seen_now ∙ is_over-frozen ∙ ap not goes_on;
     last = sym period_is ∙ last;
+    summed = summed_now final same sums;
     posted = posted;
     told = subst (λ (h : List Event). AddsEnds layout v.start h report longer) (sym seen_now) AddsEnds-frozen;
   }
@@ -294,7 +306,8 @@ module _ (layout : Layout) (shapes : ShapeLists) (heap hands : TableId) (k : Kee
 
   -- and else the next part is open
   module _ (final : Keeper) (is_opened : view_of final ≡ opened layout run w) (later : w.period + 1 < 2 ^ 32)
-      (same_books : final.books ≡ new.books) (pacing : new.books.pacing ≡ k.books.pacing) where
+      (same_books : final.books ≡ new.books) (sums : final.sums ≡ new.sums)
+      (pacing : new.books.pacing ≡ k.books.pacing) where
     abbrev x : View
     x = view_of final
 
@@ -349,6 +362,8 @@ module _ (layout : Layout) (shapes : ShapeLists) (heap hands : TableId) (k : Kee
             numbered = next.runs.numbered;
             are = record { births = next.runs.are.births; room = next.runs.are.room };
           }))
+          (subst (λ (x : View × CycleSums). HasSummed x.0.start x.1) (λ i. (sym is_opened i, sym sums i))
+          (HasSummed-opened w.seen (w.period + 1) run new.sums did.summed))
           (subst (λ (p : Pacing). ArePeriodsWhere (pace_of p) layout makes.stops w.seen) (sym same_pacing) makes.periods)
           (stopped ∙ makes.is_stopped) nobody over
           (subst (λ (p : Pacing). x.start ≡ opened_history (pace_of p) layout w.seen) (sym same_pacing) start_is) marking next.visited

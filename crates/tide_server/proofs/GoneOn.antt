@@ -47,14 +47,14 @@ module _ (layout : Layout) (shapes : ShapeLists) (heap hands : TableId) (k : Kee
       HasTurned layout shapes heap hands k final report longer turn
   HasTurned-on Over went =
       HasFinished-frozen layout shapes heap hands k stands all forces run new report longer did final went.1.view
-      (ap (λ (b : Books). b.pacing) books ∙ pacing) (went.1.stopped ∙ stopped) of.table makes (sym goes ∙ went.0) (given went.1.posted)
+      (ap (λ (b : Books). b.pacing) books ∙ pacing) went.1.sums (went.1.stopped ∙ stopped) of.table makes (sym goes ∙ went.0) (given went.1.posted)
   HasTurned-on Spent went =
       HasSpentParts-frozen layout shapes heap hands k stands all forces run new report longer did final went.2.view
-      (went.2.stopped ∙ stopped) makes (sym goes ∙ went.0) went.1 (given went.2.posted)
+      went.2.sums (went.2.stopped ∙ stopped) makes (sym goes ∙ went.0) went.1 (given went.2.posted)
   HasTurned-on Opened went =
       let next = went.1 in
       HasOpenedPart-frozen layout shapes heap hands k stands all forces run new report longer did final next.opened
-      next.later books pacing of next.none.0 next.none.1 (next.same.0 ∙ left) (next.same.1 ∙ stopped)
+      next.later books next.sums pacing of next.none.0 next.none.1 (next.same.0 ∙ left) (next.same.1 ∙ stopped)
       (λ who. ap (λ (l : List Bool). get_or l who false) next.none.2 ∙ none_left 16 who) next.no_end
       (next.posted ∙ (λ i. (seat i).seat.me.0.given + ticket_count layout (left i)))
       (λ place is. next.due place (ap (λ (l : List Bool). has_left layout l place) left ∙ is))
@@ -78,6 +78,6 @@ module _ (layout : Layout) (shapes : ShapeLists) (heap hands : TableId) (k : Kee
   HasSnapshot-on Opened snapshot went is = record {
     after = (view_of new).seen;
     is_frozen = start_is layout shapes heap hands k stands all forces run new report longer did final went.1.opened
-        went.1.later books pacing;
+        went.1.later books went.1.sums pacing;
     is = is;
   }

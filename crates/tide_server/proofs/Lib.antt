@@ -5,6 +5,7 @@ pub use Rattle.tide_posts.proofs.tide_heap
 pub use Rattle.tide_posts.proofs.FullCycles
 pub use Rattle.tide_posts.proofs.Openings
 pub mod Lists
+pub mod Summed
 pub mod Notes
 pub mod Tickets
 pub mod Working

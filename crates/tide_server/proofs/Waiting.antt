@@ -1,11 +1,14 @@
 -- A keeper whose part is open goes on, place by place.
-use Rattle.std.proofs.Common.{ℕ, suc, ◌≡◌, ◌+◌, ◌-◌, ◌<◌, ◌≤◌, ◌∙◌, refl, sym, ap, subst, arith, Bool, true, false, List, ◌∷◌, get_or, set, length, get_or-set_other, inl, inr, ◌⊎◌, lt-ltb, le-ltb, true≢false}
+use Rattle.std.proofs.Common.{ℕ, suc, ◌≡◌, ◌+◌, ◌-◌, ◌<◌, ◌≤◌, ◌∙◌, refl, sym, ap, subst, arith, Bool, true, false, List, ◌∷◌, ◌++◌, get_or, set, length, get_or-set_other, inl, inr, ◌⊎◌, lt-ltb, le-ltb, true≢false}
 use Rattle.std.proofs.lemmas.Bool.{and_parts, cases_eq, ltb-true}
 use Rattle.std.specs.Prelude.{◌||◌, ◌&&◌, MatchBool, if◌then◌else◌, nat_lt}
 use Rattle.atomic_table.specs.Seated.{TableId}
 use Rattle.tide_model.specs.Freeze.{marks_after}
 use Rattle.tide_model.specs.Layout.{Layout}
 use Rattle.tide_model.specs.Periods.{opened}
+use Rattle.tide_model.specs.Prefix.{IsPrefix}
+use Rattle.tide_model.specs.Refused.{ShapeLists}
+use Rattle.tide_model.specs.declared.entry.Event.{Event}
 use Rattle.tide_posts.proofs.Schedule.{has_stop-set}
 use Rattle.tide_posts.specs.Name.{Name, places}
 use Rattle.tide_posts.specs.Posts.{IsNoteFor, MutatorTells, VisitorTells}
@@ -18,16 +21,25 @@ use Rattle.tide_posts.specs.tide_heap.Turns.{noted}
 use Rattle.tide_posts.specs.tide_heap.declared.steps.notes.Note.{Note}
 use Rattle.tide_posts.specs.tide_heap.tide_core.declared.machine.view.View.{View}
 use Rattle.tide_posts.specs.tide_heap.tide_core.machine.World.{first_visitor}
+use Rattle.tide_posts.specs.tide_heap.tide_freeze.Books.{AddsEnds}
 use Rattle.tide_posts.specs.tide_heap.tide_freeze.declared.books.Books.{Books}
+use Rattle.tide_report.specs.Ends.{all_freed, ends_in}
+use Rattle.tide_report.specs.Reports.{Reported}
+use Rattle.tide_report.specs.declared.report.CycleLine.{CycleLine}
+use Rattle.tide_sched.specs.declared.pacing.Pacing.{Pacing}
 use Rattle.tide_sched.specs.Paces.{pace_of}
 use Rattle.tide_server.proofs.Handing.{out-more, out-one, out_of}
 use Rattle.tide_server.proofs.Noted.{AreLeft-later, AreLeft-mutator, AreLeft-visitor, NotesAreIn-left, NotesAreIn-told, NotesAreIn-visited, or_false}
-use Rattle.tide_server.specs.Keepers.{AreLeft, HadLeft, KeeperStands, NotesAreIn, has_left, view_of}
-use Rattle.tide_server.specs.Turned.{IsWaiting}
+use Rattle.tide_server.specs.Keepers.{AreLeft, HadLeft, KeeperStands, NotesAreIn, has_left, ticket_count, view_of}
+use Rattle.tide_server.specs.Turned.{HasPostedEnds, HasTurned, IsWaiting, MakesPeriod}
+use Rattle.tide_server.specs.declared.turning.Turn.{Turn}
+use Rattle.tide_server.specs.declared.turning.Turn.TheVariants.{Opened, Over, Spent}
 use Rattle.tide_server.specs.declared.keeper.Keeper.{Keeper}
 use Rattle.tide_table.proofs.Nexts.{RunsWith-noted}
 use Rattle.tide_table.specs.Standing.{RunsWith}
 use Rattle.tide_table.specs.declared.collector.Collector.{Collector}
+use Rattle.tide_table.specs.tide_statistics.Sums.{HasSummed}
+use Rattle.tide_table.specs.tide_statistics.declared.sums.CycleSums.{CycleSums}
 
 and_false : (b : Bool) → (b && false) ≡ false
 and_false true = refl
@@ -58,14 +70,14 @@ module _ (layout : Layout) (heap hands : TableId) (k : Keeper) (stands : KeeperS
 
   -- the part is the same, and more notes are in
   IsWaiting-by : (now : Keeper) → HasLooked now → now.collector.seat.table_id ≡ k.collector.seat.table_id →
-      now.books ≡ k.books → RunsWith layout k.books (view_of now) → (view_of now).start ≡ (view_of k).start →
+      now.books ≡ k.books → now.sums ≡ k.sums → RunsWith layout k.books (view_of now) → (view_of now).start ≡ (view_of k).start →
       (view_of now).period ≡ (view_of k).period → (view_of now).marks ≡ (view_of k).marks → now.next ≤ places layout →
       NotesAreIn layout (view_of now) now.next now.ended now.early →
       now.stopped ≡ (have_stops layout stands.stops || has_stop layout now.early) → AreLeft layout (view_of now) now.next now.left →
       ((place : ℕ) → (place < now.next) ⊎ (has_left layout now.left place ≡ true) → Among place now.seat.seat.me.0.free) →
       ((place : ℕ) → has_left layout now.left place ≡ false → has_left layout k.left place ≡ false) → AreNoted now →
       IsWaiting layout heap hands k now
-  IsWaiting-by now looked table books runs start period marks within notes stopped left due stays are_noted = record {
+  IsWaiting-by now looked table books sums runs start period marks within notes stopped left due stays are_noted = record {
     stands = record {
       of = record {
         table = table ∙ stands.of.table;
@@ -73,6 +85,7 @@ module _ (layout : Layout) (heap hands : TableId) (k : Keeper) (stands : KeeperS
         named = ap (λ (h : HandView Name). h.name) looked.kept ∙ stands.of.named;
       };
       runs = subst (λ (b : Books). RunsWith layout b (view_of now)) (sym books) runs;
+      summed = subst (λ (x : List Event × CycleSums). HasSummed x.0 x.1) (λ i. (sym start i, sym sums i)) stands.summed;
       before = stands.before;
       stops = stands.stops;
       periods = subst (λ (b : Books). ArePeriodsWhere (pace_of b.pacing) layout stands.stops stands.before) (sym books) stands.periods;
@@ -101,11 +114,11 @@ module _ (layout : Layout) (heap hands : TableId) (k : Keeper) (stands : KeeperS
       ∙ ap (λ (l : List Bool). have_stops layout stands.stops || has_stop layout l) (sym early)
 
   -- nothing was found
-  pub IsWaiting-same : (now : Keeper) → HasLooked now → now.seat.seat.me.0.notes ≡ k.seat.seat.me.0.notes → now.collector ≡ k.collector → now.books ≡ k.books →
+  pub IsWaiting-same : (now : Keeper) → HasLooked now → now.seat.seat.me.0.notes ≡ k.seat.seat.me.0.notes → now.collector ≡ k.collector → now.books ≡ k.books → now.sums ≡ k.sums →
       now.next ≡ k.next → now.ended ≡ k.ended → now.early ≡ k.early → now.stopped ≡ k.stopped → now.left ≡ k.left →
       IsWaiting layout heap hands k now
-  IsWaiting-same now looked took collector books next ended early stopped left =
-      IsWaiting-by now looked (ap (λ (c : Collector). c.seat.table_id) collector) books
+  IsWaiting-same now looked took collector books sums next ended early stopped left =
+      IsWaiting-by now looked (ap (λ (c : Collector). c.seat.table_id) collector) books sums
       (subst (RunsWith layout k.books) (sym same) stands.runs)
       (ap (λ (v : View). v.start) same) (ap (λ (v : View). v.period) same) (ap (λ (v : View). v.marks) same)
       (subst (λ (n : ℕ). n ≤ places layout) (sym next) stands.within)
@@ -135,7 +148,7 @@ module _ (layout : Layout) (heap hands : TableId) (k : Keeper) (stands : KeeperS
       IsWaiting layout heap hands k (record k { next = place + 1 })
   IsWaiting-left place next has =
       IsWaiting-by (record k { next = place + 1 })
-      (record { seated = refl; kept = refl; over = refl; ends = refl; given = refl; tickets = refl; free = λ q e. e }) refl refl stands.runs refl refl refl
+      (record { seated = refl; kept = refl; over = refl; ends = refl; given = refl; tickets = refl; free = λ q e. e }) refl refl refl stands.runs refl refl refl
       (omega (arith, below))
       (subst (λ (n : ℕ). NotesAreIn layout (view_of k) n k.ended k.early) (one_more place)
       (NotesAreIn-left layout (view_of k) place k.ended k.early below had
@@ -209,12 +222,12 @@ module _ (layout : Layout) (heap hands : TableId) (k : Keeper) (stands : KeeperS
     left_were = subst (λ (n : ℕ). AreLeft layout v n k.left) next stands.left
 
     pub IsWaiting-told : (now : Keeper) → HasLooked now → now.seat.seat.me.0.notes ≡ place ∷ k.seat.seat.me.0.notes → Among place now.seat.seat.me.0.free →
-        now.collector.seat.table_id ≡ k.collector.seat.table_id → view_of now ≡ noted v u → now.books ≡ k.books →
+        now.collector.seat.table_id ≡ k.collector.seat.table_id → view_of now ≡ noted v u → now.books ≡ k.books → now.sums ≡ k.sums →
         now.next ≡ place + 1 → now.ended ≡ (k.ended || ends) → now.left ≡ set k.left place u.left → place < layout.mutators →
         get_or k.left place false ≡ false → u.period ≡ v.period → length k.early ≡ 16 → now.early ≡ set k.early place stops →
         now.stopped ≡ (k.stopped || stops) → IsWaiting layout heap hands k now
-    IsWaiting-told now looked took here table is books later ended left below stays period wide early stopped =
-        IsWaiting-by now looked table books (subst (RunsWith layout k.books) (sym is) (RunsWith-noted layout k.books v u stands.runs))
+    IsWaiting-told now looked took here table is books sums later ended left below stays period wide early stopped =
+        IsWaiting-by now looked table books sums (subst (RunsWith layout k.books) (sym is) (RunsWith-noted layout k.books v u stands.runs))
         (ap (λ (x : View). x.start) is) (ap (λ (x : View). x.period) is) (ap (λ (x : View). x.marks) is) (omega (arith, later, within))
         (subst (λ (x : View). NotesAreIn layout x now.next now.ended now.early) (sym is)
         (subst (λ (n : ℕ). NotesAreIn layout (noted v u) n now.ended now.early) (sym later)
@@ -260,11 +273,11 @@ module _ (layout : Layout) (heap hands : TableId) (k : Keeper) (stands : KeeperS
         isnt e = true≢false (sym ((stands.left.known place below).1 e) ∙ stays)
 
     pub IsWaiting-visited : (now : Keeper) → HasLooked now → now.seat.seat.me.0.notes ≡ place ∷ k.seat.seat.me.0.notes → Among place now.seat.seat.me.0.free →
-        now.collector.seat.table_id ≡ k.collector.seat.table_id → view_of now ≡ noted v u → now.books ≡ k.books →
+        now.collector.seat.table_id ≡ k.collector.seat.table_id → view_of now ≡ noted v u → now.books ≡ k.books → now.sums ≡ k.sums →
         now.next ≡ place + 1 → now.ended ≡ (k.ended || ends) → now.early ≡ k.early → now.stopped ≡ k.stopped →
         now.left ≡ k.left → layout.mutators ≤ place → u.period ≡ v.period → IsWaiting layout heap hands k now
-    IsWaiting-visited now looked took here table is books later ended early stopped left behind period =
-        IsWaiting-by now looked table books (subst (RunsWith layout k.books) (sym is) (RunsWith-noted layout k.books v u stands.runs))
+    IsWaiting-visited now looked took here table is books sums later ended early stopped left behind period =
+        IsWaiting-by now looked table books sums (subst (RunsWith layout k.books) (sym is) (RunsWith-noted layout k.books v u stands.runs))
         (ap (λ (x : View). x.start) is) (ap (λ (x : View). x.period) is) (ap (λ (x : View). x.marks) is) (omega (arith, later, within))
         (subst (λ (x : View). NotesAreIn layout x now.next now.ended now.early) (sym is)
         (subst (λ (n : ℕ). NotesAreIn layout (noted v u) n now.ended now.early) (sym later)
@@ -313,3 +326,66 @@ IsWaiting-then layout heap hands one two three first second = record {
 pub IsWaiting-here : (layout : Layout) (heap hands : TableId) (k : Keeper) → KeeperStands layout heap hands k →
     IsWaiting layout heap hands k k
 IsWaiting-here layout heap hands k stands = record { stands = stands; start = refl; period = refl; pacing = refl; posted = refl }
+
+-- What a turn makes that waited first, it makes of the part as it was before: also with a report that is lent anew, and
+-- tells the same.
+module _ (layout : Layout) (shapes : ShapeLists) (heap hands : TableId) (one two new : Keeper)
+    (report lent longer : Reported) (waits : IsWaiting layout heap hands one two)
+    (cycles : lent.cycles ≡ report.cycles) (ids : lent.ids ≡ report.ids) where
+  told_waited : (after : List Event) → AddsEnds layout (view_of two).start after lent longer →
+      AddsEnds layout (view_of one).start after report longer
+  told_waited after adds = record {
+    ended = adds.ended;
+    lines = adds.lines;
+    came = adds.came ∙ ap (λ (h : List Event). ends_in layout h ++ adds.ended) waits.start;
+    added = adds.added ∙ ap (λ (lines : List CycleLine). lines ++ adds.lines) cycles;
+    within = adds.within;
+    told = adds.told;
+    cells = adds.cells ∙ ap (λ (cells : List ℕ). cells ++ all_freed adds.ended) ids;
+  }
+
+  makes_waited : (stopped : Bool) (after : List Event) → MakesPeriod layout shapes two stopped after →
+      MakesPeriod layout shapes one stopped after
+  makes_waited stopped after makes = record {
+    grows = subst (λ (h : List Event). IsPrefix h after) waits.start makes.grows;
+    lawful = makes.lawful;
+    stops = makes.stops;
+    periods = subst (λ (p : Pacing). ArePeriodsWhere (pace_of p) layout makes.stops after) waits.pacing makes.periods;
+    is_stopped = makes.is_stopped;
+    ends = makes.ends;
+  }
+
+  posted_waited : HasPostedEnds layout two new → HasPostedEnds layout one new
+  posted_waited posted = record {
+    ends = posted.ends;
+    over = posted.over;
+    posted = posted.posted ∙ ap (λ (n : ℕ). n + layout.visitors) waits.posted;
+  }
+
+  pub HasTurned-waited : (turn : Turn) → HasTurned layout shapes heap hands two new lent longer turn →
+      HasTurned layout shapes heap hands one new report longer turn
+  HasTurned-waited Opened did = record {
+    after = did.after;
+    makes = makes_waited new.stopped did.after did.makes;
+    goes_on = did.goes_on;
+    opened = did.opened ∙ ap (λ (p : Pacing). opened (pace_of p) layout did.after) waits.pacing;
+    period = did.period ∙ ap (λ (n : ℕ). n + 1) waits.period;
+    stands = did.stands;
+    posted = did.posted ∙ ap (λ (n : ℕ). n + ticket_count layout new.left) waits.posted;
+    told = told_waited (view_of new).start did.told;
+  }
+  HasTurned-waited Over did = record {
+    grows = subst (λ (h : List Event). IsPrefix h (view_of new).seen) waits.start did.grows;
+    parts = did.parts ∙ waits.period;
+    finished = did.finished;
+    posted = posted_waited did.posted;
+    told = told_waited (view_of new).seen did.told;
+  }
+  HasTurned-waited Spent did = record {
+    makes = makes_waited new.stopped (view_of new).seen did.makes;
+    goes_on = did.goes_on;
+    last = sym waits.period ∙ did.last;
+    summed = did.summed;
+    posted = posted_waited did.posted;
+    told = told_waited (view_of new).seen did.told;
+  }

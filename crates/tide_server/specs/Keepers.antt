@@ -20,6 +20,7 @@ use Rattle.tide_sched.specs.Paces.{pace_of}
 use Rattle.tide_server.specs.declared.keeper.Keeper.{Keeper}
 use Rattle.tide_table.specs.Standing.{RunsWith}
 use Rattle.tide_table.specs.VisitsTold.{HaveTold, told_by}
+use Rattle.tide_table.specs.tide_statistics.Sums.{HasSummed}
 
 -- the collector of the heap with this layout and this table, which has the keeper's seat of this table of hands
 pub record IsKeeperOf (layout : Layout) (heap hands : TableId) (k : Keeper) : Type 0 where
@@ -107,6 +108,7 @@ HasNoEnd k = (k.seat.seat.me.0.over ≡ false) × (k.seat.seat.me.0.ends ≡ [])
 pub record KeeperStands (layout : Layout) (heap hands : TableId) (k : Keeper) : Type 0 where
   pub of : IsKeeperOf layout heap hands k
   pub runs : RunsWith layout k.books (view_of k)
+  pub summed : HasSummed (view_of k).start k.sums
   pub before : List Event
   pub stops : List (List Bool)
   pub periods : ArePeriodsWhere (pace_of k.books.pacing) layout stops before

@@ -21,7 +21,8 @@ use Rattle.tide_server.specs.Keepers.{HasNoEnd, KeeperStands, has_left, ticket_c
 use Rattle.tide_server.specs.declared.keeper.Keeper.{Keeper}
 use Rattle.tide_server.specs.declared.turning.Turn.{Turn}
 use Rattle.tide_server.specs.declared.turning.Turn.TheVariants.{Opened, Over, Spent}
-use Rattle.tide_table.specs.Standing.{HasCollected}
+use Rattle.tide_table.specs.Standing.{HasCollected, StandsStill}
+use Rattle.tide_table.specs.tide_statistics.Sums.{HasSummed}
 
 -- The freeze after the keeper's open part made one more whole period of the history: it goes on from where the part was
 -- opened, is lawful, and its cycles end in time. `stopped` says whether some mutator has
@@ -43,6 +44,7 @@ pub record HasFrozenPart (layout : Layout) (shapes : ShapeLists) (is_forced : Bo
   pub freezes : Freezes layout shapes (view_of old) stopped
   pub collected : HasCollected layout shapes (pace_of old.books.pacing) is_forced stopped (view_of new) run
   pub are : AreBooks layout (view_of new).seen new.books
+  pub summed : HasSummed (view_of new).seen new.sums
   pub told : AddsEnds layout stopped.seen (view_of new).seen report longer
 
 -- The next part was opened, since some mutator is active still, and a ticket was posted at each place whose participant
@@ -59,10 +61,13 @@ pub record HasOpenedPart (layout : Layout) (shapes : ShapeLists) (heap hands : T
   pub told : AddsEnds layout (view_of old).start (view_of new).start report longer
 
 -- A keeper whose heap is frozen for good: all mutators have left, and its history is legal for its pace, its layout and
--- as many visitors as that has, with who stopped early in which part. The keeper says whether somebody did.
+-- as many visitors as that has, with who stopped early in which part. The keeper says whether somebody did, and its sums
+-- are those of the history.
 pub record IsFinished (layout : Layout) (shapes : ShapeLists) (heap : TableId) (k : Keeper) : Type 0 where
   pub table : k.collector.seat.table_id ≡ heap
   pub frozen : (view_of k).frozen ≡ true
+  pub still : StandsStill layout shapes (view_of k)
+  pub summed : HasSummed (view_of k).seen k.sums
   pub gone : (i : ℕ) → i < layout.mutators → In i (view_of k).gone
   pub stops : List (List Bool)
   pub legal : IsLegalWhere (pace_of k.books.pacing) layout shapes stops (view_of k).seen
@@ -90,6 +95,7 @@ pub record HasSpentParts (layout : Layout) (shapes : ShapeLists) (old new : Keep
   pub makes : MakesPeriod layout shapes old new.stopped (view_of new).seen
   pub goes_on : is_over layout (view_of new).seen ≡ false
   pub last : (view_of old).period ≡ 2 ^ 32 - 1
+  pub summed : HasSummed (view_of new).seen new.sums
   pub posted : HasPostedEnds layout old new
   pub told : AddsEnds layout (view_of old).start (view_of new).seen report longer
 
@@ -115,6 +121,7 @@ pub record HasOpenedNextPart (layout : Layout) (run : ℕ) (old new : Keeper) : 
   pub later : (view_of old).period + 1 < 2 ^ 32
   pub none : (new.next ≡ 0) × (new.ended ≡ false) × (new.early ≡ replicate 16 false)
   pub same : (new.left ≡ old.left) × (new.stopped ≡ old.stopped)
+  pub sums : new.sums ≡ old.sums
   pub posted : new.seat.seat.me.0.given ≡ old.seat.seat.me.0.given + ticket_count layout old.left
   pub tickets : (place : ℕ) → place < places layout → times place new.seat.seat.me.0.tickets
       ≡ times place old.seat.seat.me.0.tickets + (if has_left layout old.left place then 0 else 1)
@@ -125,6 +132,7 @@ pub record HasOpenedNextPart (layout : Layout) (run : ℕ) (old new : Keeper) : 
 -- no next part was opened, and the ends were posted
 pub record HasClosedParts (layout : Layout) (old new : Keeper) : Type 0 where
   pub view : view_of new ≡ view_of old
+  pub sums : new.sums ≡ old.sums
   pub stopped : new.stopped ≡ old.stopped
   pub posted : HasPostedEnds layout old new
 

@@ -1,8 +1,9 @@
 //! `Keeper`: who freezes a standing heap between two parts. It takes no note and opens no part.
-ghost use Rattle.std.specs.Prelude.{◌≡◌, false, replicate};
+ghost use Rattle.std.specs.Prelude.{◌≡◌, [], false, replicate};
+ghost use Rattle.tide_table.specs.tide_statistics.Sums.{HasSummed};
 
 use tide_posts::{Books, HandedIn, HeapName, KeeperSeat, Ticket};
-use tide_table::Collector;
+use tide_table::{Collector, CycleSums};
 
 /// Who freezes a standing heap and opens its parts.
 #[derive(Drop)]
@@ -10,6 +11,8 @@ pub struct Keeper {
     pub(crate) collector: Collector,
     pub(crate) seat: KeeperSeat<Ticket, HandedIn, HeapName>,
     pub(crate) books: Books,
+    /// What is told of the cycles so far, all together, up to where the open part was opened.
+    pub(crate) sums: CycleSums,
     /// The notes of the open part are in of all places below this one.
     pub(crate) next: usize,
     /// One of them says that its mutator's last call ended its share.
@@ -32,6 +35,7 @@ impl Keeper {
         ensures collector { result.collector ≡ collector }
         ensures seat { result.seat ≡ seat }
         ensures books { result.books ≡ books }
+        ensures sums { HasSummed [] result.sums }
         ensures nothing { (result.next ≡ 0) × (result.ended ≡ false) × (result.left ≡ replicate 16 false) }
         ensures nobody { (result.early ≡ replicate 16 false) × (result.stopped ≡ false) }
     {
@@ -39,6 +43,7 @@ impl Keeper {
             collector,
             seat,
             books,
+            sums: CycleSums::new(),
             next: 0,
             ended: false,
             left: [false; 16],
@@ -53,5 +58,12 @@ impl Keeper {
         ensures { result ≡ self.now.stopped }
     {
         self.stopped
+    }
+
+    /// What is told of the cycles so far, all together. While a part is open that is so up to where it was opened.
+    pub fn sums(&self) -> CycleSums
+        ensures { result ≡ self.now.sums }
+    {
+        self.sums
     }
 }

@@ -58,6 +58,8 @@ pub use tide_snapshot::{
     Failed, Keys, MAX_KEY_BYTES, MAX_KEYS, MemSink, RealSink, Sink, Snapshot, is_key,
     take as take_snapshot,
 };
-pub use tide_table::{Closed, Collector, Frozen, NotOpened, Numbers, PeriodsSpent, Start};
+pub use tide_table::{
+    Closed, Collector, CycleSums, Frozen, NotOpened, Numbers, PeriodsSpent, Start,
+};
 pub use tide_visitor::{Drained, Visitor};
 pub use turning::Turn;

@@ -34,6 +34,7 @@ impl Keeper {
             standing.now.hands.shared.table_id self.new }
         ensures view { self.new.collector.seat.me.0 ≡ self.old.collector.seat.me.0 }
         ensures books { self.new.books ≡ self.old.books }
+        ensures sums { self.new.sums ≡ self.old.sums }
         ensures over { self.new.seat.seat.me.0.over ≡ self.old.seat.seat.me.0.over }
         ensures ends { self.new.seat.seat.me.0.ends ≡ self.old.seat.seat.me.0.ends }
         ensures posted { self.new.seat.seat.me.0.given
@@ -74,6 +75,7 @@ impl Keeper {
             × (place < places standing.now.heap.key.layout))) }
         ensures collector { self.new.collector ≡ self.old.collector }
         ensures books { self.new.books ≡ self.old.books }
+        ensures sums { self.new.sums ≡ self.old.sums }
         ensures stopped { self.new.stopped ≡ self.old.stopped }
     {
         let layout = standing.heap.layout();
@@ -99,6 +101,7 @@ impl Keeper {
         ensures opened { self.new.collector.seat.me.0
             ≡ opened standing.now.heap.key.layout run self.old.collector.seat.me.0 }
         ensures books { self.new.books ≡ self.old.books }
+        ensures sums { self.new.sums ≡ self.old.sums }
         ensures over { self.new.seat.seat.me.0.over ≡ self.old.seat.seat.me.0.over }
         ensures ends { self.new.seat.seat.me.0.ends ≡ self.old.seat.seat.me.0.ends }
         ensures posted { self.new.seat.seat.me.0.given

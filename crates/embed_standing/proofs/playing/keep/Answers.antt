@@ -11,3 +11,6 @@ returns-in-loop g c =
         | in-Spent w ↦ absurd (true≢false (sym is ∙ w.is_over-is))
       ];
     }
+
+pub loop-preserved : goal.loop-preserved
+loop-preserved g c = c.next_turn.ensures.opened (c.in-Ok.is ∙ ap Ok c.in-Opened.is)

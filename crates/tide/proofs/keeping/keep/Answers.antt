@@ -1,7 +1,9 @@
 -- Behind each turn the part and the cycles that ended in it are counted.
-use Rattle.std.proofs.Common.{ℕ, ◌+◌, ◌∙◌, ap, append-nil, subst, sym, arith, []}
+use Rattle.std.proofs.Common.{ℕ, ◌+◌, ◌∙◌, ap, append-nil, subst, sym, arith, of_calls, []}
 use Rattle.tide.proofs.Counting.{counts_turn}
+use Rattle.tide.proofs.Watching.{watched_none, watched_turn}
 use Rattle.tide.specs.Counted.{HasCounted, with_lines, with_part}
+use Rattle.tide.specs.Watched.{HasWatched}
 use Rattle.tide_server.specs.Keepers.{view_of}
 use Rattle.tide_server.specs.Turned.{HasFinished, HasOpenedPart, HasTurned}
 use Rattle.tide_server.specs.tide_model.Periods.{open_count}
@@ -21,8 +23,11 @@ loop-init g c =
         went_on = omega arith;
         ended = [];
         came = sym (append-nil (ends_in c.args.standing.now.heap.key.layout (view_of c.args.keeper).start));
-        counts = c.new-stats.ensures;
+        counts = c.new-tally.ensures;
       };
+      watches = c.requires.watches;
+      watched = watched_none g.W.FnMut c.args.standing.now.heap.key.layout (view_of c.args.keeper).start
+          (view_of c.args.keeper).period c.args.watch;
     }
 
 pub loop-preserved : goal.loop-preserved
@@ -43,9 +48,15 @@ loop-preserved g c =
       counted = subst (HasCounted layout first.start (view_of new).start first.period (view_of new).period)
           (sym c.add.ensures)
           (subst (λ (n : ℕ). HasCounted layout first.start (view_of new).start first.period n
-          (with_lines (with_part c.loop.stats) c.turn.new.report.cycles)) (sym did.period)
+          (with_lines (with_part c.loop.tally) c.turn.new.report.cycles)) (sym did.period)
           (counts_turn layout first.start (view_of old).start (view_of new).start first.period (view_of old).period
-          c.loop.report c.turn.new.report c.loop.stats c.loop.invariant.empty did.told c.loop.invariant.counted));
+          c.loop.report c.turn.new.report c.loop.tally c.loop.invariant.empty did.told c.loop.invariant.counted));
+      watches = search of_calls;
+      watched = subst (λ (n : ℕ). HasWatched g.W.FnMut layout first.start (view_of new).start first.period n c.args.watch
+          c.watch.new.self) (sym did.period)
+          (watched_turn g.W.FnMut layout first.start first.period c.args.watch (view_of old).start (view_of new).start
+          (view_of old).period c.loop.report c.turn.new.report c.loop.watch c.watch.new.self c.loop.invariant.empty
+          did.told c.loop.invariant.watched (search of_calls));
     }
 
 pub returns-in-Over-clause-counted : goal.returns-in-Over-clause-counted
@@ -62,6 +73,23 @@ returns-in-Over-clause-counted g c =
     subst (HasCounted layout first.start (view_of new).seen first.period (open_count (view_of new).seen + 1))
     (sym c.add.ensures)
     (subst (λ (n : ℕ). HasCounted layout first.start (view_of new).seen first.period (n + 1)
-    (with_lines (with_part c.loop.stats) c.turn.new.report.cycles)) (sym did.parts)
+    (with_lines (with_part c.loop.tally) c.turn.new.report.cycles)) (sym did.parts)
     (counts_turn layout first.start (view_of old).start (view_of new).seen first.period (view_of old).period
-    c.loop.report c.turn.new.report c.loop.stats c.loop.invariant.empty did.told c.loop.invariant.counted))
+    c.loop.report c.turn.new.report c.loop.tally c.loop.invariant.empty did.told c.loop.invariant.counted))
+
+pub returns-in-Over-clause-watched : goal.returns-in-Over-clause-watched
+returns-in-Over-clause-watched g c =
+    let s = c.args.standing.now in
+    let layout = s.heap.key.layout in
+    let first = view_of c.args.keeper in
+    let old = c.loop.keeper in
+    let new = c.turn.new.self in
+    let did : HasFinished layout (lists_of s.heap.key.shapes) s.heap.table.shared.table_id old new c.loop.report
+    c.turn.new.report =
+    subst (HasTurned layout (lists_of s.heap.key.shapes) s.heap.table.shared.table_id s.hands.shared.table_id old new
+    c.loop.report c.turn.new.report) c.in-Over.is c.in-Ok.ensures.turned in
+    subst (λ (n : ℕ). HasWatched g.W.FnMut layout first.start (view_of new).seen first.period (n + 1) c.args.watch
+    c.watch.new.self) (sym did.parts)
+    (watched_turn g.W.FnMut layout first.start first.period c.args.watch (view_of old).start (view_of new).seen
+    (view_of old).period c.loop.report c.turn.new.report c.loop.watch c.watch.new.self c.loop.invariant.empty
+    did.told c.loop.invariant.watched (search of_calls))

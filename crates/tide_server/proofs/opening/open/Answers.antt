@@ -14,6 +14,7 @@ use Rattle.tide_posts.specs.tide_heap.tide_freeze.declared.books.Books.{Books}
 use Rattle.tide_sched.specs.declared.pacing.Pacing.{Pacing}
 use Rattle.tide_server.proofs.First.{KeeperStands-first, ticket_count-first}
 use Rattle.tide_server.specs.Keepers.{has_left, ticket_count}
+use Rattle.tide_table.specs.tide_statistics.Sums.{HasSummed}
 use Rattle.tide_server.proofs.opening.open.Goals as goal
 
 pub open_first-requires-clause-due : goal.open_first-requires-clause-due
@@ -63,6 +64,7 @@ returns-clause-stands g c = λ many.
           ∙ ap (λ (v : HandView Name). v.ends) c.in_ok-helpers.ensures.kept
           ∙ ap (λ (v : HandView Name). v.ends) c.in_ok-members.ensures.kept ∙ c.in_ok-standing.ensures.nothing.1,
     )
+    (subst (HasSummed []) (sym did.sums) c.new-keeper.ensures.sums)
 
 pub returns-clause-posted : goal.returns-clause-posted
 returns-clause-posted g c =

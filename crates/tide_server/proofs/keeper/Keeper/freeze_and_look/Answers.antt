@@ -7,6 +7,7 @@ use Rattle.tide_posts.specs.tide_heap.tide_freeze.Books.{AddsEnds, AreBooks}
 use Rattle.tide_sched.specs.Paces.{pace_of}
 use Rattle.tide_snapshot.specs.tide_retained.Holding.{IsSnapshotOf}
 use Rattle.tide_table.specs.Standing.{HasCollected}
+use Rattle.tide_table.specs.tide_statistics.Sums.{HasSummed}
 use Rattle.tide_server.proofs.keeper.Keeper.freeze_and_look.Goals as goal
 
 pub returns-clause-frozen : goal.returns-clause-frozen
@@ -23,6 +24,7 @@ returns-clause-frozen g c =
       collected = subst (λ (w : View). HasCollected layout shapes (pace_of c.args.self.now.books.pacing) c.args.is_forced froze.stopped w
           c.freeze-run.result) same froze.collected;
       are = subst (λ (w : View). AreBooks layout w.seen books) same froze.are;
+      summed = subst (λ (w : View). HasSummed w.seen c.freeze-run.new.self.sums) same froze.summed;
       told = subst (λ (w : View). AddsEnds layout froze.stopped.seen w.seen c.args.report.now c.freeze-run.new.report) same froze.told;
     }
 

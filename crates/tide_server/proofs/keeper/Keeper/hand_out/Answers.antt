@@ -45,6 +45,7 @@ loop-place-init g c = record {
   of = c.requires.of;
   view = refl;
   books = refl;
+  sums = refl;
   over = refl;
   ends = refl;
   tickets = λ q. (let none = got-none c.args.standing.now.heap.key.layout c.args.self.now.left 0 q (omega arith) in omega (arith, none));
@@ -70,6 +71,7 @@ loop-place-preserved-then-has_left g c =
       of = so.of;
       view = so.view;
       books = so.books;
+      sums = so.sums;
       over = so.over;
       ends = so.ends;
       tickets = λ q. so.tickets q ∙ ap (λ (n : ℕ). times q c.args.self.now.seat.seat.me.0.tickets + n)
@@ -106,6 +108,7 @@ loop-place-preserved g c =
       };
       view = c.ticket-ticket.ensures.same.2 ∙ so.view;
       books = so.books;
+      sums = so.sums;
       over = post.over ∙ so.over;
       ends = post.ends ∙ so.ends;
       tickets = λ q. got-one layout left place q c.args.self.now.seat.seat.me.0.tickets was.tickets now.tickets isnt posted.2

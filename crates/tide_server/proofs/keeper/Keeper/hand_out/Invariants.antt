@@ -12,6 +12,7 @@ invariant-loop-place g l = record {
   of : IsKeeperOf l.standing.heap.key.layout l.standing.heap.table.shared.table_id l.standing.hands.shared.table_id l.self;
   view : l.self.collector.seat.me.0 ≡ l.initial.self.collector.seat.me.0;
   books : l.self.books ≡ l.initial.self.books;
+  sums : l.self.sums ≡ l.initial.self.sums;
   over : l.self.seat.seat.me.0.over ≡ l.initial.self.seat.seat.me.0.over;
   ends : l.self.seat.seat.me.0.ends ≡ l.initial.self.seat.seat.me.0.ends;
   posted : l.self.seat.seat.me.0.given ≡ l.initial.self.seat.seat.me.0.given

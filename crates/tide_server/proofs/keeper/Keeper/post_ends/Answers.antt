@@ -19,6 +19,7 @@ loop-place-init g c = record {
   ahead = λ q later below. c.requires.due q below;
   collector = refl;
   books = refl;
+  sums = refl;
   stopped = refl;
 }
 
@@ -49,6 +50,7 @@ loop-place-preserved g c =
       ahead = ahead-more layout c.args.self.now.left place was.free now.free post.free so.ahead;
       collector = so.collector;
       books = so.books;
+      sums = so.sums;
       stopped = so.stopped;
     }
 

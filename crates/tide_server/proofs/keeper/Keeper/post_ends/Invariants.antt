@@ -16,5 +16,6 @@ invariant-loop-place g l = record {
   ahead : (place : ℕ) → l.place ≤ place → place < places l.standing.heap.key.layout → Among place l.self.seat.seat.me.0.free;
   collector : l.self.collector ≡ l.initial.self.collector;
   books : l.self.books ≡ l.initial.self.books;
+  sums : l.self.sums ≡ l.initial.self.sums;
   stopped : l.self.stopped ≡ l.initial.self.stopped;
 }

@@ -24,7 +24,7 @@ returns-in_default-clause-waits g c =
     IsWaiting-same s.heap.key.layout s.heap.table.shared.table_id s.hands.shared.table_id k c.requires.stands
     _
     (record { seated = e.same.0; kept = e.kept; over = e.over; ends = e.ends; given = e.given.0; tickets = e.given.1; free = e.free })
-    (e.none c.in_default.is).1 refl refl refl refl refl refl refl
+    (e.none c.in_default.is).1 refl refl refl refl refl refl refl refl
 
 pub returns-then-place-mutators-clause-waits : goal.returns-then-place-mutators-clause-waits
 returns-then-place-mutators-clause-waits g c =
@@ -43,7 +43,7 @@ returns-then-place-mutators-clause-waits g c =
     c.requires.within (search rules) (search rules) c.in-Some.handed.note c.in-Some.ended c.in-Some.handed.early number told _
     (record { seated = e.same.0; kept = e.kept; over = e.over; ends = e.ends; given = e.given.0; tickets = e.given.1; free = e.free })
     c.in-Some.ensures.taken.1 c.in-Some.ensures.due
-    c.take.ensures.same.0 c.take.ensures.noted refl refl (search rules) refl refl refl (search rules) of_part
+    c.take.ensures.same.0 c.take.ensures.noted refl refl refl (search rules) refl refl refl (search rules) of_part
 
 pub returns-clause-waits : goal.returns-clause-waits
 returns-clause-waits g c =
@@ -62,5 +62,5 @@ returns-clause-waits g c =
     c.requires.within (search rules) (search rules) c.in-Some.handed.note c.in-Some.ended c.in-Some.handed.early number told _
     (record { seated = e.same.0; kept = e.kept; over = e.over; ends = e.ends; given = e.given.0; tickets = e.given.1; free = e.free })
     c.in-Some.ensures.taken.1 c.in-Some.ensures.due
-    c.take.ensures.same.0 c.take.ensures.noted refl refl (search rules) (search rules) (search rules) (search rules) of_part
+    c.take.ensures.same.0 c.take.ensures.noted refl refl refl (search rules) (search rules) (search rules) (search rules) of_part
     (search rules) (search rules) (search rules)

@@ -4,21 +4,24 @@ use Rattle.std.proofs.lemmas.List.{length-map}
 use Rattle.std.proofs.lemmas.Slice.Zip.{AllZip-long}
 use Rattle.std.specs.List.{AllZip}
 use Rattle.tide.proofs.Counting.{counts_all}
+use Rattle.tide.proofs.Watching.{told_all}
 use Rattle.tide.proofs.Seats.{all_answers, all_are_new, all_left_answers, are_answers, each_is_new, job_of}
-use Rattle.tide.specs.Counted.{Counts}
 use Rattle.tide.specs.Hosts.{HasActed, HasAnswered, beginning_of}
+use Rattle.tide.specs.Told.{TellsRun}
+use Rattle.tide.specs.Watched.{WasTold}
 use Rattle.tide.specs.declared.jobs.Job.{Job}
 use Rattle.tide_server.specs.Keepers as keepers
 use Rattle.tide_server.specs.declared.member.Member.{Member}
+use Rattle.tide_server.specs.tide_heap.tide_core.declared.machine.view.View.{View}
+use Rattle.tide_server.specs.tide_heap.tide_freeze.declared.books.Books.{Books}
 use Rattle.tide_server.specs.tide_model.Periods.{IsLegal, open_count}
 use Rattle.tide_server.specs.tide_model.declared.entry.Event.{Event}
 use Rattle.tide_server.specs.tide_mutator.calls.Viewed.{view_of}
 use Rattle.tide_server.specs.tide_posts.Schedule.{IsLegalWhere}
-use Rattle.tide_server.specs.tide_report.Ends.{ends_in}
 use Rattle.tide_server.specs.tide_sched.Paces.{pace_of}
 use Rattle.tide_server.specs.tide_sched.declared.pacing.Pacing.{Pacing}
 use Rattle.tide_server.specs.tide_shape.Lists.{lists_of}
-use Rattle.tide.proofs.host.Host.run.Goals as goal
+use Rattle.tide.proofs.host.Host.run_and_watch.Goals as goal
 
 pub run_all-kept-requires-clause-may : goal.run_all-kept-requires-clause-may
 run_all-kept-requires-clause-may g c κs within =
@@ -58,26 +61,44 @@ returns-clause-where_early g c =
       legal.0,
       c.has_stopped.ensures ∙ legal.1,
       subst (λ (pacing : Pacing). IsLegalWhere (pace_of pacing) key.layout (lists_of key.shapes) legal.0
-          c.finish.result.seat.me.0.seen) c.run_all-kept.ensures.pacing legal.2,
+          c.finish.result.seat.me.0.seen) (ap (λ (b : Books). b.pacing) c.sum_up.ensures.same.1 ∙ c.run_all-kept.ensures.pacing)
+          legal.2,
     )
 
 pub returns-clause-legal : goal.returns-clause-legal
 returns-clause-legal g c none =
     let key = c.args.self.opened.standing.heap.key in
     subst (λ (pacing : Pacing). IsLegal (pace_of pacing) key.layout (lists_of key.shapes) c.finish.result.seat.me.0.seen)
-    c.run_all-kept.ensures.pacing (c.finish.ensures.legal (sym c.has_stopped.ensures ∙ none))
+    (ap (λ (b : Books). b.pacing) c.sum_up.ensures.same.1 ∙ c.run_all-kept.ensures.pacing)
+    (c.finish.ensures.legal (sym c.has_stopped.ensures ∙ none))
 
-pub returns-clause-counts : goal.returns-clause-counts
-returns-clause-counts g c =
+pub sum_up-requires-clause-counted : goal.sum_up-requires-clause-counted
+sum_up-requires-clause-counted g c =
     let o = c.args.self.opened in
     let layout = o.standing.heap.key.layout in
     let first = keepers.view_of o.keeper in
     let kept = c.run_all-kept.result.0 in
     let seen = (keepers.view_of kept.keeper).seen in
-    subst (λ (events : List Event). Counts kept.stats (open_count events) (ends_in layout events))
-    (sym c.finish.ensures.history)
-    (counts_all layout first.start seen first.period (open_count seen) kept.stats c.requires.stands.fresh
-    c.requires.stands.first c.run_all-kept.ensures.counted)
+    counts_all layout first.start seen first.period (open_count seen) kept.tally c.requires.stands.fresh
+    c.requires.stands.first c.run_all-kept.ensures.counted
+
+pub returns-clause-told : goal.returns-clause-told
+returns-clause-told g c =
+    let layout = c.args.self.opened.standing.heap.key.layout in
+    subst (λ (events : List Event). TellsRun layout events c.sum_up.result)
+    (sym (c.finish.ensures.history ∙ ap (λ (v : View). v.seen) c.sum_up.ensures.same.0)) c.sum_up.ensures.told
+
+pub returns-clause-watched : goal.returns-clause-watched
+returns-clause-watched g c =
+    let o = c.args.self.opened in
+    let layout = o.standing.heap.key.layout in
+    let first = keepers.view_of o.keeper in
+    let kept = c.run_all-kept.result.0 in
+    let seen = (keepers.view_of kept.keeper).seen in
+    subst (λ (events : List Event). WasTold g.W.FnMut layout events c.args.watch kept.watch)
+    (sym (c.finish.ensures.history ∙ ap (λ (v : View). v.seen) c.sum_up.ensures.same.0))
+    (told_all g.W.FnMut layout first.start first.period c.args.watch seen kept.watch c.requires.stands.fresh
+    c.requires.stands.first c.run_all-kept.ensures.watched)
 
 pub returns-clause-all : goal.returns-clause-all
 returns-clause-all g c =
