@@ -5,30 +5,49 @@
 //! alone: no line here speaks of a part, a ticket or a note.
 #![tactic(auto)]
 
-mod code;
 mod fault;
-mod form;
-mod names;
+mod kind;
 mod text;
-mod trap;
 mod words;
 // these stand on those listed before
-mod machine;
+mod code;
+mod names;
+mod refusal;
+mod trap;
+// these stand on those listed before
+mod form;
+mod registers;
 mod scope;
 // these stand on those listed before
-mod caches;
-mod calls;
-mod operations;
-mod printing;
+mod machine;
 mod reading;
 // these stand on those listed before
+mod cells;
 mod closing;
+mod operations;
 mod running;
 
-use running::{Ended, run};
+use running::{Left, run};
 use std::process::ExitCode;
 use std::{env, io};
-use words::words_of;
+use words::{Words, words_of};
+
+/// Prints what the scripts left. Tells of each that was stopped.
+fn print_all<R: Print + Eprint>(rt: &R, words: &Words, all: &[Left]) -> io::Result<ExitCode> {
+    let mut status = ExitCode::SUCCESS;
+    for (number, left) in all.iter().enumerate() {
+        let name = words.name(number);
+        if all.len() > 1 {
+            println!(rt; "; {name}")?;
+        }
+        rt.print(left.printed.as_str())?;
+        if let Err(trap) = left.ended {
+            eprintln!(rt; "tide_lisp: {name}: {trap}")?;
+            status = ExitCode::from(1);
+        }
+    }
+    Ok(status)
+}
 
 fn main(rt: HostRuntime) -> io::Result<ExitCode> {
     let alloc = rt.alloc();
@@ -38,9 +57,11 @@ fn main(rt: HostRuntime) -> io::Result<ExitCode> {
         )?;
         return Ok(ExitCode::from(2));
     };
-    match run(&rt, alloc, &words)? {
-        Ended::Done => Ok(ExitCode::SUCCESS),
-        Ended::Stopped => Ok(ExitCode::from(1)),
-        Ended::Refused => Ok(ExitCode::from(2)),
+    match run(&rt, alloc, &words) {
+        Ok(all) => print_all(&rt, &words, all.as_slice()),
+        Err(refusal) => {
+            eprintln!(rt; "tide_lisp: {refusal}")?;
+            Ok(ExitCode::from(2))
+        }
     }
 }

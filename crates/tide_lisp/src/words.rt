@@ -17,6 +17,19 @@ pub struct Words {
 }
 
 impl Words {
+    /// How many scripts there are: the one on standard input, where the words name none.
+    pub fn count(&self) -> usize {
+        self.scripts.len().max(1)
+    }
+
+    /// The name of a script, by number.
+    pub fn name(&self, number: usize) -> &str {
+        match self.scripts.get(number) {
+            Some(name) => name.as_str(),
+            None => "script",
+        }
+    }
+
     /// What an option asks for. Says whether it is one.
     fn set(&mut self, word: &str) -> bool {
         let Some((name, value)) = word.split_once('=') else {
